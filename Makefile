@@ -227,7 +227,8 @@ check-tool: $(TOOL) $(SHARED) $(PROGRAM) $(BUILD)/stack $(BUILD)/spelling $(BUIL
 	tests/rules.sh $(SECOND_TOOL) $(BUILD)/chance docs examples
 	nm $(LIB) > $(BUILD)/symbols
 	if grep -E ' [bBcCdDsS] ' $(BUILD)/symbols; then echo 'the library keeps state between calls'; exit 1; fi
-	$(BUILD)/stack $(wildcard examples/[A-Z].rule) bench/and_71_s16.rule bench/cap_62_s16.rule
+	if grep -E ' U ' $(BUILD)/symbols | grep -vE ' U (memcpy|memset)$$'; then echo 'the library needs another name from outside'; exit 1; fi
+	$(BUILD)/stack $(wildcard examples/[A-Z].rule) bench/and_71_s16.rule bench/cap_62_s16.rule bench/one_62_s1.rule bench/strict_1.rule
 	tests/shared.sh $(BUILD)/shared $(SHARED) $(SONAME) $(BUILD)/symbols include/mulgreddi.h
 	MAKE='$(MAKE)' tests/install.sh $(BUILD)/installed $(VERSION) $(SONAME)
 	MAKE='$(MAKE)' tests/places.sh

@@ -224,6 +224,12 @@ entries=$(grep -cE '^(mulgreddi_[a-z]+|uint32_t) mulgreddi_[a-z_]+\(' include/mu
     said="$files files, $(printf "%'d" $lines) lines, of which $(printf "%'d" $told) are neither blank nor"
     LC_ALL=C grep -qF "$(echo "$said" | sed ':a;s/\B[0-9]\{3\}\b/,&/;ta')" docs/PROOF.md || echo "docs/PROOF.md: the reading list has $said \`use\`"
 } > build/documents/counts
+# ---- what PROOF says of the code's form, which no contract holds: 01's labelled loop, and where the toolchain's `check::same` compares
+grep -qx "    'clauses: loop {" crates/rule_entries/src/lib.rt && grep -qx "                continue 'clauses;" crates/rule_entries/src/lib.rt ||
+    fault "docs/PROOF.md: no label leaves a clause in crates/rule_entries"
+for crate in rule_same sheet_cycles; do
+    grep -qrx 'use check::same;' "crates/$crate/src" || fault "docs/PROOF.md: $crate does not use check::same"
+done
 parts=(build/documents/{names,loose,files,map,theorems,entries,links,sections,cited,twice,counts})
 cat "${parts[@]}" >&2
 faults=$((faults + $(cat "${parts[@]}" | wc -l)))

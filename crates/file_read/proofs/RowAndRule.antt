@@ -15,6 +15,12 @@ module _ {R : Type 0} (P : ℕ → R → Type 0) (alone : (k : ℕ) (r t : R) �
   refused-alike zero r t n h = absurd (n refl)
   refused-alike (suc k) r t n h = alone k r t h
 
+-- an answer by a row and by what is read, where no other row follows
+pub plain-alike : {R X : Type 0} (answer : ℕ → R → X) → ((k : ℕ) (u w : R) → answer (suc k) u ≡ answer (suc k) w)
+    → {j k : ℕ} → j ≡ k → {r t : R} → (k ≡ 0 → r ≡ t) → answer j r ≡ answer k t
+plain-alike answer alone {k = zero} e h = ap₂ answer e (h refl)
+plain-alike answer alone {k = suc k} e {r} {t} h = ap (λ j. answer j r) e ∙ alone k r t
+
 -- a file is read by the rows xs as r, a file by the rows ys as t; then come the rows rest
 module _ {R : Type 0} (rest : R → List Check) (xs ys : List Check) (nx : numbered xs ≡ true) (ny : numbered ys ≡ true) (r t : R)
     (rows : first_row xs ≡ first_row ys) (read : first_row ys ≡ 0 → r ≡ t) where

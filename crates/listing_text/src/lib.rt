@@ -48,7 +48,7 @@ fn put_listing(out: &mut [u8], file: &[u8]) -> usize
     let mut list = [0u64; 512];
     let mut transitions = [0u64; 4096];
     match build::build(file, &mut list, &mut transitions) {
-        Err(refusal) => crate::lines::put_refused(out, refusal),
+        Err(refusal) => crate::lines::put_refused(out, refusal.row()),
         Ok(counts) => {
             let m = counts.macrostates;
             let t = counts.transitions;

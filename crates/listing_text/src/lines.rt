@@ -3,9 +3,6 @@ ghost use Rattle.std.specs.Prelude.{◌≡◌, ◌+◌, ◌≤◌, ◌<◌, leng
 ghost use Rattle.listing_lines_spec.specs.Lines.{initial_at, sign, built_line, m_line};
 ghost use Rattle.listing_lines_spec.specs.Lines.{t_line, n_line, refused_line, name_lines, macrostate_lines, transition_lines, table_text};
 ghost use Rattle.slice_text.specs.Put.{Put};
-ghost use Rattle.refusals.specs.Rows.{number_of};
-
-use refusals::Refusal;
 
 // The letter, or a `-` where not.
 fn sign_of(holds: bool, letter: u8) -> u8
@@ -80,12 +77,12 @@ fn put_name(out: &mut [u8], at: usize, letter: usize, name: &[u8]) -> usize
 }
 
 // A refusal.
-pub fn put_refused(out: &mut [u8], refusal: Refusal) -> usize
-    requires { length (refused_line (number_of refusal)) ≤ length out.old }
-    ensures { Put out.old 0 (refused_line (number_of refusal)) out.new result }
+pub fn put_refused(out: &mut [u8], row: u8) -> usize
+    requires { length (refused_line row) ≤ length out.old }
+    ensures { Put out.old 0 (refused_line row) out.new result }
 {
     let a = slice_text::put(out, 0, b"refused");
-    let b = slice_text::put_word(out, a, refusal.row() as u64);
+    let b = slice_text::put_word(out, a, row as u64);
     slice_text::put_byte(out, b, b'\n')
 }
 

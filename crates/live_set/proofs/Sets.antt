@@ -16,6 +16,8 @@ use Rattle.sets.specs.Lists.{any_of}
 use Rattle.sets.proofs.Bools.{bif}
 use Rattle.sets.proofs.Lists.{any-cons, any_append}
 use Rattle.sets.specs.Masks.{bit}
+use Rattle.sets.proofs.Digits.{digit-num}
+use Rattle.codes.specs.Bytes.{word_at}
 use Rattle.theory.specs.Macrostate.{begun}
 use Rattle.theory.specs.Run.{source_of, letter_of_lem, target_of}
 use Rattle.live_spec.specs.Afresh.{is_in, enters, stepped, initial_set}
@@ -77,6 +79,11 @@ module _ (a t : ℕ) (bytes : List ℕ) where
   pub moved-yes : letter_of_lem t ≡ a → (get_or bytes (source_of t) 0 % 2 ≡ 0 → ⊥) → set bytes (target_of t) (2 + get_or bytes (target_of t) 0 % 2) ≡ moved a t bytes
   unfolding moved
   moved-yes e n = let o : get_or bytes (source_of t) 0 % 2 ≡ 1 = omega arith in rw (eq-eqb (letter_of_lem t) a e, o)
+
+-- the letter of the transition in eight bytes is the third of them
+pub letter-byte : (bytes : List ℕ) (i : ℕ) → ((j : ℕ) → get_or bytes j 0 < 256) → letter_of_lem (word_at bytes i) ≡ get_or bytes (i + 2) 0
+unfolding word_at
+letter-byte bytes i h = digit-num 256 (omega arith) 8 (λ j. get_or bytes (i + j) 0) (λ j l. h (i + j)) 2 (omega arith)
 
 -- ---- a sweep
 

@@ -93,6 +93,11 @@ fn sweep(letter: usize, transitions: &[u8], set: &mut [u8])
     ensures { Swept letter (words_in transitions.now) set.old set.new }
 {
     for i in 0..transitions.len() / 8 {
+        // Its byte tells the letter: most transitions are over another one, and then no word is put together.
+        let over = transitions[i * 8 + 2] as usize;
+        if over != letter {
+            continue;
+        }
         move_over(word_at(transitions, i * 8), letter, set);
     }
 }

@@ -8,6 +8,7 @@ use Rattle.mulgreddi_answers.specs.Answers.{refused_as, served_as}
 use Rattle.file_spec.specs.declared.Layout.{Layout}
 use Rattle.std.specs.Prelude.{Ok, Err}
 use Rattle.refusals.specs.declared.Refusal.{Refusal}
+use Rattle.refusals.specs.Rows.{number_of}
 use Rattle.file_spec.specs.Reading.{read_of}
 use Rattle.file_read.proofs.Answer.{served, turned-away}
 use Rattle.mulgreddi.specs.Check.{read_answer, Checked}
@@ -18,7 +19,7 @@ checked-served f l r e a =
     let s = served f l e in
     subst (Checked f) (sym a) (record { answer = sym (ap read_answer e); inside = s.names-inside; names = λ z. s.names })
 
-pub checked_refused : (f : List ℕ) (k : Refusal) (r : Answer) → read_of f ≡ Err k → r ≡ refused_as k → Checked f r
+pub checked_refused : (f : List ℕ) (k : Refusal) (r : Answer) → read_of f ≡ Err k → r ≡ refused_as (number_of k) → Checked f r
 unfolding read_answer
 checked_refused f k r e a =
     let t = turned-away f k e in

@@ -5,12 +5,13 @@ use Rattle.mulgreddi_answers.specs.Answers.{refused_as, served_as}
 use Rattle.file_spec.specs.File.{names_of}
 use Rattle.file_spec.specs.declared.Layout.{Layout}
 use Rattle.refusals.specs.declared.Refusal.{Refusal}
+use Rattle.refusals.specs.Rows.{number_of}
 use Rattle.file_spec.specs.Reading.{read_of}
 
 -- the length of the preface, and how many of its bytes are names
 unfoldable pub read_answer : Result Layout Refusal → Answer
 read_answer (Ok layout) = served_as layout.at layout.names
-read_answer (Err refusal) = refused_as refusal
+read_answer (Err refusal) = refused_as (number_of refusal)
 
 -- the answer r for a file
 pub record Checked (f : List ℕ) (r : Answer) : Type 0 where

@@ -42,7 +42,7 @@ pub extern "C" fn mulgreddi_check(file: &[u8]) -> Answer
 {
     match file_read::read_rule(file) {
         Ok(layout) => mulgreddi_answers_rules::checked(layout.at, layout.names),
-        Err(refusal) => mulgreddi_answers::refused(refusal),
+        Err(refusal) => mulgreddi_answers::refused(refusal.row()),
     }
 }
 

@@ -11,8 +11,8 @@ use Rattle.sheet_spec.specs.declared.Totals.{Totals}
 use Rattle.word_spelling.specs.declared.Lengths.{Lengths}
 
 -- 01: "The answer is the number alone"
-abbrev pub refused_as : Refusal → Answer
-refused_as refusal = record { refusal = number_of refusal; first = 0; second = 0 }
+abbrev pub refused_as : ℕ → Answer
+refused_as row = record { refusal = row; first = 0; second = 0 }
 
 abbrev pub served_as : ℕ → ℕ → Answer
 served_as first second = record { refusal = 0; first = first; second = second }
@@ -20,7 +20,7 @@ served_as first second = record { refusal = 0; first = first; second = second }
 -- the answer of a call, by the two numbers that stand for what it serves
 abbrev pub answer_of : {T : Type 0} → (T → ℕ × ℕ) → Result T Refusal → Answer
 answer_of shown (Ok x) = served_as (shown x).0 (shown x).1
-answer_of shown (Err refusal) = refused_as refusal
+answer_of shown (Err refusal) = refused_as (number_of refusal)
 
 -- a number alone
 abbrev pub number_shown : ℕ → ℕ × ℕ

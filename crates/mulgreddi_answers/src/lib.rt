@@ -24,12 +24,12 @@ pub struct Answer {
     pub second: u64,
 }
 
-// The answer of a refusal: the number of its row.
-pub fn refused(refusal: Refusal) -> Answer
-    ensures { result ≡ refused_as refusal }
+// The answer of a refusal, by the number of its row.
+pub fn refused(row: u8) -> Answer
+    ensures { result ≡ refused_as row }
 {
     Answer {
-        refusal: refusal.row() as u64,
+        refusal: row as u64,
         first: 0,
         second: 0,
     }
@@ -63,7 +63,7 @@ pub fn answered<T: Shown>(answer: Result<T, Refusal>) -> Answer
             let (first, second) = x.numbers();
             served(first, second)
         }
-        Err(refusal) => refused(refusal),
+        Err(refusal) => refused(refusal.row()),
     }
 }
 

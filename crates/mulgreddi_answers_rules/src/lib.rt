@@ -17,18 +17,18 @@ pub fn checked(at: usize, names: usize) -> Answer
 
 // The length of the written file.
 #[tactic(auto, unfolding(mulgreddi_answers::specs::Answers::written_answer))]
-pub fn written(answer: Result<usize, Refusal>) -> Answer
-    ensures { result ≡ written_answer answer }
+pub fn written(length: Result<usize, Refusal>) -> Answer
+    ensures { result ≡ written_answer length }
 {
-    mulgreddi_answers::answered(answer)
+    mulgreddi_answers::answered(length)
 }
 
 // The length of the tidied file.
 #[tactic(auto, unfolding(mulgreddi_answers::specs::Answers::tidied_answer))]
-pub fn tidied(answer: Result<usize, Refusal>) -> Answer
-    ensures { result ≡ tidied_answer answer }
+pub fn tidied(tidy_length: Result<usize, Refusal>) -> Answer
+    ensures { result ≡ tidied_answer tidy_length }
 {
-    mulgreddi_answers::answered(answer)
+    mulgreddi_answers::answered(tidy_length)
 }
 
 // The number of states of the mixed loop, 0 for none.
@@ -41,8 +41,8 @@ pub fn reported(answer: Result<Option<usize>, Refusal>) -> Answer
 
 // 1 same, 0 not.
 #[tactic(auto, unfolding(mulgreddi_answers::specs::Answers::same_rules_answer))]
-pub fn same_rules(answer: Result<bool, Refusal>) -> Answer
-    ensures { result ≡ same_rules_answer answer }
+pub fn same_rules(same: Result<bool, Refusal>) -> Answer
+    ensures { result ≡ same_rules_answer same }
 {
-    mulgreddi_answers::answered(answer)
+    mulgreddi_answers::answered(same)
 }

@@ -39,10 +39,10 @@ pub fn start(answer: Result<Option<usize>, Refusal>) -> Answer
 
 // The number of letters written.
 #[tactic(auto, unfolding(mulgreddi_answers::specs::Answers::translated_answer))]
-pub fn translated(answer: Result<usize, Refusal>) -> Answer
-    ensures { result ≡ translated_answer answer }
+pub fn translated(letters: Result<usize, Refusal>) -> Answer
+    ensures { result ≡ translated_answer letters }
 {
-    mulgreddi_answers::answered(answer)
+    mulgreddi_answers::answered(letters)
 }
 
 // The number of letters held, and of macrostates in the set.

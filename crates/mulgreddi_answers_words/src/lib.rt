@@ -12,10 +12,10 @@ use word_spelling::Lengths;
 
 // 1 same, 0 not.
 #[tactic(auto, unfolding(mulgreddi_answers::specs::Answers::same_words_answer))]
-pub fn same_words(answer: Result<bool, Refusal>) -> Answer
-    ensures { result ≡ same_words_answer answer }
+pub fn same_words(same: Result<bool, Refusal>) -> Answer
+    ensures { result ≡ same_words_answer same }
 {
-    mulgreddi_answers::answered(answer)
+    mulgreddi_answers::answered(same)
 }
 
 // The lengths of lead-in and cycle.
@@ -28,10 +28,10 @@ pub fn tidy_word(answer: Result<Lengths, Refusal>) -> Answer
 
 // 1 yes, 0 no.
 #[tactic(auto, unfolding(mulgreddi_answers::specs::Answers::verdict_answer))]
-pub fn verdict(answer: Result<bool, Refusal>) -> Answer
-    ensures { result ≡ verdict_answer answer }
+pub fn verdict(accepts: Result<bool, Refusal>) -> Answer
+    ensures { result ≡ verdict_answer accepts }
 {
-    mulgreddi_answers::answered(answer)
+    mulgreddi_answers::answered(accepts)
 }
 
 // The number of words on the sheet, and of cycles filled.

@@ -22,11 +22,28 @@ pub struct Head {
     pub accepting: usize,
 }
 
-// The number of the first of the clauses all of whose states are in the set.
+// The number of the first of the clauses all of whose states are in the set; a clause is left at its first missing state.
 pub fn first_met(set: u8, clauses: &[u8]) -> Option<usize>
     ensures { result ≡ met_of set clauses.now }
 {
-    clauses.iter().position(|c| *c & set == *c)
+    let mut j = 0;
+    // A loop: 01 names this form, "a label leaves the inner clause or yields the met clause".
+    'clauses: loop {
+        if clauses.len() <= j {
+            break None;
+        }
+        let mut left = clauses[j];
+        // A while: it visits the states of the clause alone.
+        while left != 0 {
+            let q = u8::trailing_zeros(left);
+            if (set >> q) & 1 == 0 {
+                j += 1;
+                continue 'clauses;
+            }
+            left &= left - 1;
+        }
+        break Some(j);
+    }
 }
 
 // How many clauses the first i entries have.

@@ -6,6 +6,7 @@ ghost use Rattle.judge_place.specs.Starts.{CycleReady};
 ghost use Rattle.sheet_cycles.specs.Known.{Parts, Found};
 ghost use Rattle.sheet_cycles.specs.Filled.{Filled, Learnt};
 
+use check::same;
 use judge_masks::word::fill_cycle;
 use rule_entries::Head;
 
@@ -17,7 +18,7 @@ pub fn find_cycle(sheet: &[u8], from: &[usize], size: &[usize], n: usize, cycle:
     for k in 0..n {
         let start = from[k];
         let end = start + size[k];
-        if &sheet[start..end] == cycle {
+        if same(&sheet[start..end], cycle) {
             return k;
         }
     }

@@ -1,11 +1,12 @@
 -- Texts written one after the other.
-use mathlib.Core.Path.{◌≡◌, sym, ◌∙◌, ap, ap₂}
-use mathlib.Core.List.{List, [], ◌++◌, append_assoc, append-nil}
-use Prim.Native.Nat.{ℕ, ◌+◌, ◌≤◌}
+use mathlib.Core.Path.{◌≡◌, refl, sym, ◌∙◌, ap, ap₂}
+use mathlib.Core.List.{List, [], ◌∷◌, ◌++◌, append_assoc, append-nil}
+use Prim.Native.Nat.{ℕ, ◌+◌, ◌≤◌, ◌<◌}
 use native.Mathlib.Omega.{arith}
+use native.Mathlib.Numerals.{add-one}
 use native.Mathlib.Nat.{add-zero, zero-add}
-use lib.ListN.{length, take, drop, length-append, length-drop, take-append-drop}
-use lib.Seq.{paste, length-take-le, take-length, take_at, drop-append-add, drop-drop}
+use lib.ListN.{length, take, drop, set, length-append, length-drop, take-append-drop}
+use lib.Seq.{paste, length-take-le, take-length, take_at, drop-append-add, drop-drop, set_split, append_snoc}
 use Rattle.slice_text.specs.Put.{Put}
 
 -- the front of the slice up to the end of the text
@@ -43,6 +44,18 @@ module _ {d : List ℕ} {at : ℕ} {s d₁ : List ℕ} {e : ℕ} (P : Put d at s
 -- a text that is given in another way
 pub put_as : {d : List ℕ} {at : ℕ} {s t d₁ : List ℕ} {e : ℕ} → t ≡ s → Put d at s d₁ e → Put d at t d₁ e
 put_as q P = rw q P
+
+-- one byte
+pub put_one : (d : List ℕ) (at x : ℕ) → at < length d → Put d at (x ∷ []) (set d at x) (at + 1)
+put_one d at x h = record {
+  ends = refl;
+  fits = omega arith;
+  text = rw (append_snoc (take at d) x (drop (at + 1) d), add-one at) (set_split d at x h);
+}
+
+-- a copy
+pub put_copy : (d : List ℕ) (at : ℕ) (s new : List ℕ) → at + length s ≤ length d → new ≡ paste d at s (length s) → Put d at s new (at + length s)
+put_copy d at s new h e = record { ends = refl; fits = h; text = e ∙ ap (λ (t : List ℕ). (take at d ++ t) ++ drop (at + length s) d) (take-length s) }
 
 -- the slice with the text, as a copy
 pub put-paste : {d : List ℕ} {at : ℕ} {s new : List ℕ} {r : ℕ} → Put d at s new r → new ≡ paste d at s (length s)

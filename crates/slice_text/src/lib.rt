@@ -23,9 +23,11 @@ pub fn put(out: &mut [u8], at: usize, text: &[u8]) -> usize
     requires { at + length text.now ≤ length out.old }
     ensures { Put out.old at text.now out.new result }
 {
-    let end = at + text.len();
-    out[at..end].copy_from_slice(text);
-    end
+    // Byte by byte: by `copy_from_slice` the archive for C would need `memmove`.
+    for (i, byte) in text.iter().enumerate() {
+        out[at + i] = *byte;
+    }
+    at + text.len()
 }
 
 // A number below 10 as a digit.

@@ -22,9 +22,11 @@ pub fn judge_table(
     ensures { JudgedTable file.now lead.now cycle.now (in_words codes.now)
         (in_words transitions.now) scratch.old scratch.new result }
 {
-    let l = read_rule(file)?;
     let none = &file[..0];
-    judge_lent(l.head, lead, cycle, codes, none, transitions, none, scratch)
+    match read_rule(file) {
+        Ok(l) => judge_lent(l.head, lead, cycle, codes, none, transitions, none, scratch),
+        Err(refusal) => Err(refusal),
+    }
 }
 
 // Whether an accepting run of a table in bytes, each code and transition as 8 bytes, low byte first, over a word begins in an initial
@@ -41,8 +43,10 @@ pub fn judge_table_bytes(
     ensures { JudgedTable file.now lead.now cycle.now (in_bytes_lem codes.now)
         (in_bytes_lem transitions.now) scratch.old scratch.new result }
 {
-    let r = read_rule(file)?;
     let words = [0u64; 1];
     let none = &words[..0];
-    judge_lent(r.head, lead, cycle, none, codes, none, transitions, scratch)
+    match read_rule(file) {
+        Ok(r) => judge_lent(r.head, lead, cycle, none, codes, none, transitions, scratch),
+        Err(row) => Err(row),
+    }
 }

@@ -38,8 +38,18 @@ refusal : (c : tie.In-Err) → listing_of (start-of-after-row c).args.file.now �
 refusal c = let else1 : tie.Else-file-gt4096 = search in let start : tie.Start = search in
     refused-text start.args.file.now else1.if-file-gt4096.false c.in-Err.refusal (sym (answer (search)) ∙ c.in-Err.is)
 
+abbrev refused-of-after-number : tie.After-row → tie.In-Err
+refused-of-after-number c = search
+
+abbrev start-of-after-number : tie.After-row → tie.Start
+start-of-after-number c = start-of-after-row (refused-of-after-number c)
+
+-- the same by the number of the row
+refused : (c : tie.After-row) → listing_of (start-of-after-number c).args.file.now ≡ refused_line c.row.result
+refused c = refusal (refused-of-after-number c) ∙ ap refused_line (sym c.row.ensures)
+
 put-refused-requires : tie.Need-put_refused-requires
-put-refused-requires c κs = let start : tie.Start = search in omega (arith, start.requires, ap length (refusal (search)))
+put-refused-requires c κs = let start : tie.Start = search in omega (arith, start.requires, ap length (refused (search)))
 
 abbrev start-of-after-counts : tie.In-Ok → tie.Start
 start-of-after-counts c = search
@@ -76,7 +86,7 @@ put-table-requires c κs =
     (at-initial-of.initial_of.ensures.0, omega (arith, start.requires, ap length (table (search) _ _ _ _ refl B.codes_after refl B.moves_after)))
 
 returns-2 : tie.Need-returns-in-Err
-returns-2 c = let at-put-refused : tie.After-put_refused = search in put_as (refusal (search)) at-put-refused.put_refused.ensures
+returns-2 c = let at-put-refused : tie.After-put_refused = search in put_as (refused (search)) at-put-refused.put_refused.ensures
 
 returns-3 : tie.Need-returns-in-Ok
 returns-3 c = let at-put-table : tie.After-put_table = search in let at-build : tie.After-build = search in let B = at-build.build.ensures in
@@ -84,7 +94,7 @@ returns-3 c = let at-put-table : tie.After-put_table = search in let at-build : 
 
 pub put_listing_spec : {M : Type 1} → statement M
 put_listing_spec = tie.close (tie.spec
-    put-requires (λ c. search rules) returns (λ c. search rules) (λ c. search rules) (λ c κs. search rules) (λ c. search rules) put-refused-requires
+    put-requires (λ c. search rules) returns (λ c. search rules) (λ c. search rules) (λ c κs. search rules) (λ c. search rules) (λ c κs. search rules) put-refused-requires
     (λ c. search rules) (λ c κs. search rules) (λ c κs. search rules) (λ c. codes_held (search)) (λ c. sym (length-take-le _ _ (codes_held (search))))
     (λ c. let at-build : tie.After-build = search in moves_held (search) _ _ refl at-build.build.ensures.moves_after)
     (λ c. let at-build : tie.After-build = search in sym (length-take-le _ _ (moves_held (search) _ _ refl at-build.build.ensures.moves_after)))
